@@ -261,30 +261,50 @@ def many_messages(queue):
     print(f"{MANY} messages: at most {most // 1024} MiB", file=sys.stderr)
 
 
+def long_records(now):
+    """Yields the octets of a body for each long message, the record of its accept, after a gate and its length."""
+    text = b"Subject: long\r\n\r\n".ljust(LENGTH, b"t")
+    for number in range(LONG):
+        body = accept(now, b"<a@example.org>", [recipient(b"<b%d@example.org>" % number)], text)
+        yield b"\1" + struct.pack(">I", len(body)) + body
+
+
+def long_snapshot(now):
+    """Yields the octets of one body for all of them, a snapshot. Each recipient is followed by its place: held, never
+    deferred, not reported as delayed, and due."""
+    text, place = b"Subject: long\r\n\r\n".ljust(LENGTH, b"t"), struct.pack(">BBBQ", 1, 0, 0, now)
+
+    def entry(number):
+        front = accept(now, b"<a@example.org>", [recipient(b"<b%d@example.org>" % number) + place], text)
+        return struct.pack(">Q", number + 1) + front[1:]
+
+    head = struct.pack(">BQI", 5, LONG + 1, LONG)
+    yield b"\1" + struct.pack(">I", len(head) + sum(len(entry(number)) for number in range(LONG))) + head
+    yield from map(entry, range(LONG))
+
+
 def texts_stay_on_the_disk(queue):
     now = int(time.time()) - 3 * HOUR
-    text = b"Subject: long\r\n\r\n".ljust(LENGTH, b"t")
-    queue.write()
-    with queue.relay.spool.open("r+b") as spool:
-        spool.seek(-1, 2)
-        for number in range(LONG):
-            body = accept(now, b"<a@example.org>", [recipient(b"<b%d@example.org>" % number)], text)
-            spool.write(b"\1" + struct.pack(">I", len(body)) + body)
-        spool.write(b"\0")
-    for words, count, last in [
-        (["list"], LONG, f"{LONG} 0 <b{LONG - 1}@example.org> {now}"),
-        (["list", "--long"], LONG + 2, f"{LONG} messages, {LONG} recipients, {LONG}.0 MiB; oldest 3 h"),
-        (["status"], 3, None),
-        (["status", "--prometheus"], None, None),
-        (["list", "--json"], LONG, None),
-    ]:
-        lines = queue.within(MEMORY, *words).splitlines()
-        if count is not None:
-            same(f"the lines of {' '.join(words)}", len(lines), count)
-        if last is not None:
-            same(f"the last line of {' '.join(words)}", lines[-1], last)
-    objects = [json.loads(line) for line in lines]
-    same("the sizes", {it["size"] for it in objects}, {LENGTH})
+    for parts in [long_records, long_snapshot]:
+        queue.write()
+        with queue.relay.spool.open("r+b") as spool:
+            spool.seek(-1, 2)
+            spool.writelines(parts(now))
+            spool.write(b"\0")
+        for words, count, last in [
+            (["list"], LONG, f"{LONG} 0 <b{LONG - 1}@example.org> {now}"),
+            (["list", "--long"], LONG + 2, f"{LONG} messages, {LONG} recipients, {LONG}.0 MiB; oldest 3 h"),
+            (["status"], 3, None),
+            (["status", "--prometheus"], None, None),
+            (["list", "--json"], LONG, None),
+        ]:
+            lines = queue.within(MEMORY, *words).splitlines()
+            if count is not None:
+                same(f"the lines of {' '.join(words)}", len(lines), count)
+            if last is not None:
+                same(f"the last line of {' '.join(words)}", lines[-1], last)
+        objects = [json.loads(line) for line in lines]
+        same("the sizes", {it["size"] for it in objects}, {LENGTH})
 
 
 def beside_a_running_relay(program, folder):
