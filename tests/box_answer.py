@@ -20,6 +20,8 @@ class Answer:
     def __init__(self, lines):
         self.dials, self.refused, self.reads, self.writes, self.shuts, self.closes = [], [], [], [], [], []
         self.clock, self.log, self.fault, self.wait = None, [], None, None
+        # The octets of the answer to a request, and whether a reload waits.
+        self.reply, self.is_reloading = None, False
         for line in lines:
             word, _, rest = line.partition(" ")
             self.TAKES.get(word, Answer.take_unknown)(self, rest)
@@ -45,12 +47,19 @@ class Answer:
     def take_fault(self, rest):
         self.fault = rest
 
+    def take_answer(self, rest):
+        self.reply = octets_of(rest)
+
+    def take_reloading(self, _):
+        self.is_reloading = True
+
     def take_done(self, rest):
         self.wait = int(rest)
 
     TAKES = {
         "dial": take_dial, "read": take_read, "wrote": take_wrote, "clock": take_clock, "fault": take_fault,
-        "done": take_done, "refused": lambda self, rest: self.refused.append(rest),
+        "done": take_done, "answer": take_answer, "reloading": take_reloading,
+        "refused": lambda self, rest: self.refused.append(rest),
         "shut": lambda self, rest: self.shuts.append(int(rest)),
         "closed": lambda self, rest: self.closes.append(int(rest)),
         "log": lambda self, rest: self.log.append(read_line(rest)),

@@ -61,6 +61,10 @@ class Stream:
     def shut(self, now):
         self.is_shut, self.shut_at = True, now
 
+    def has_come(self):
+        """Returns whether the relay has accepted it."""
+        return True
+
     def is_left(self, turn):
         """Returns whether it is broken for so long that it must have been closed before."""
         return not self.is_closed and self.is_reset and self.is_known(turn)
@@ -116,11 +120,13 @@ class Talk(Stream):
         self.expected = collections.deque([self.dialogue.greeting()])
         # What was written since the last whole reply; messages that aren't accepted yet.
         self.tail, self.is_greeted, self.own_line, self.offers = b"", False, None, collections.deque()
-        self.is_cut, self.crowd, self.ended, self.was_crowded = False, (0, 0), None, None
+        self.is_cut, self.crowd, self.ended, self.was_crowded, self.is_retired = False, (0, 0), None, None, False
         # Whether it surely had begun a command before this turn.
         self.has_begun = False
         self.total = self.last_count = self.last_place = self.accepted = 0
         self.has_accepted, self.greeted_in, self.tail_since = now, 0, now
+        # The turn in which it had the last answer to a message: what follows that may not be used yet.
+        self.told_in = None
         # The turn in which it came, and whether a balancer's header said so then.
         self.came_in, self.is_behind = None, False
         # How many replies were written whole, and how many of them refuse something.
@@ -140,6 +146,9 @@ class Talk(Stream):
         if self.came_in is None:
             self.came_in, self.has_accepted, self.active = turn, now, now
 
+    def has_come(self):
+        return self.came_in is not None
+
     def is_before(self, other):
         """Returns whether it surely came before another one: in a turn the relay takes those first that have no
         header."""
@@ -154,7 +163,8 @@ class Talk(Stream):
                     (b"554 %b no service\r\n" % self.host, "no service"),
                     (b"421 %b insufficient system storage, closing\r\n" % self.host, "storage"),
                     (b"421 %b timeout, closing\r\n" % self.host, "timeout")]
-        return [(b"421 %b timeout, closing\r\n" % self.host, "timeout")]
+        return [(b"421 %b timeout, closing\r\n" % self.host, "timeout"),
+                (b"421 %b service stopping, closing\r\n" % self.host, "stopping")]
 
     def read(self, octets, at):
         """Takes what the relay has read."""
@@ -218,6 +228,11 @@ class Talk(Stream):
         self.require(not self.untold or self.may_be_unheard(self.untold[0][0]),
                      f"the log hasn't told what became of {self.untold and self.untold[0][1]}")
 
+    def note_reason(self, reason, asks):
+        """Compares why its connection ends with what was asked of the relay."""
+        self.is_retired = reason == "stopping"
+        self.require(not self.is_retired or asks.may_cut(self), "it was cut off for a reload, and is in a transaction")
+
     def count_untold(self, minutes, least, most):
         """Notes its end, and how many of its refusals have no line."""
         if not self.is_counted:
@@ -227,8 +242,8 @@ class Talk(Stream):
     def may_be_unheard(self, place):
         """Returns whether the relay may have read what the reply of a place is for, and not used it. In a turn it uses
         a block up to its second message, and nothing while replies wait."""
-        return any(isinstance(reply, ClientMessage)
-                   for reply in itertools.islice(self.expected, place - self.answered))
+        return self.told_in == self.turn or any(isinstance(reply, ClientMessage) for reply in
+                                                itertools.islice(self.expected, place - self.answered))
 
     def wrote(self, octets, judge):
         """Compares what was written with the replies that are owed, in order."""
@@ -264,9 +279,11 @@ class Talk(Stream):
         if line == FULL:
             self.require(message.number is None, f"452 spool full answers {message}, which the log has as accepted")
             self.offers.remove(message)
+            self.told_in = judge.counts["turns"]
             judge.counts["full"] += 1
             self.refused += 1
         elif line.startswith(b"250 queued as ") and line[14:-2].isdigit():
+            self.told_in = judge.counts["turns"]
             judge.acknowledged(message, int(line[14:-2]))
         else:
             return False
@@ -310,7 +327,7 @@ class Talk(Stream):
         self.is_closed = True
         if has_failed or self.is_reset or self.is_cut:
             return
-        late = now >= self.opened + min(self.setup.timeout, CROWDED_TIMEOUT)
+        late = self.is_retired or now >= self.opened + min(self.setup.timeout, CROWDED_TIMEOUT)
         if self.owes():
             # One that is turned away, or is late, may leave no room for the line that says so.
             self.require(self.room is not None and (late or not self.is_greeted),

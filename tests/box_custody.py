@@ -30,17 +30,51 @@ class Place:
         self.is_delayed, self.has_left, self.doubt, self.delay_doubt = False, None, None, False
         # How often it was deferred, and how often at most, if that is in doubt.
         self.laters = self.laters_at_most = 0
+        # When it was due and surely due before it was flushed, and how often it may be tried before that.
+        self.unflushed, self.tries = None, 0
 
     def defer(self, at):
         """Lets it be due again, after it was deferred once more."""
+        tries = self.tries if self.unflushed and self.unflushed[0] <= at else self.tries - 1
+        self.forget_flush()
         self.laters, self.laters_at_most = self.laters + 1, self.laters_at_most + 1
         self.due, self.due_surely = at + wait_after(self.laters), at + wait_after(self.laters_at_most)
+        if tries > 0:
+            # If it was due when it was flushed, the attempt for that may come after the one that it had anyway.
+            self.flush(False, tries)
 
     def doubt_deferral(self, at):
         """Notes that it may have been deferred once more."""
+        self.forget_flush()
         self.laters_at_most += 1
         self.due = min(self.due, at + wait_after(self.laters + 1))
         self.due_surely = max(self.due_surely, at + wait_after(self.laters_at_most))
+
+
+    def flush(self, is_sure, tries=1):
+        """Lets it be due at once, so often more, or notes that it may be."""
+        self.unflushed, self.tries = self.unflushed or (self.due, self.due_surely), self.tries + tries
+        self.due, self.due_surely = 0, 0 if is_sure else self.due_surely
+
+    def doubt_flush(self):
+        """Notes that it may be due only as if it hadn't been flushed."""
+        if self.unflushed:
+            self.due_surely = self.unflushed[1]
+
+    def forget_flush(self):
+        """Lets it be due as if it hadn't been flushed."""
+        if self.unflushed:
+            self.due, self.due_surely = self.unflushed
+            self.unflushed, self.tries = None, 0
+
+    def spool_due(self):
+        """Returns from when on it may be due by the spool, flushed or not, and surely is."""
+        return self.unflushed or (self.due, self.due_surely)
+
+    def is_sure(self):
+        """Returns whether it is known when it is due by the spool."""
+        due, surely = self.spool_due()
+        return self.doubt is None and due == surely
 
 
 class Message:
@@ -49,11 +83,17 @@ class Message:
     def __init__(self, setup, mail, recipients, at):
         self.setup, self.mail, self.at, self.number, self.text = setup, mail, at, None, None
         self.places = [Place(one, setup.hop_of_path(one.path), at) for one in recipients]
-        self.running, self.cuts, self.doubt, self.is_logged = set(), 0, None, False
-        # What a report tells of, by path; and of which message.
-        self.told, self.of = None, None
+        self.running, self.cuts, self.doubt, self.is_logged, self.may_be_void = set(), 0, None, False, False
+        # What a report tells of, by path; and of which message; and whether a postmaster has returned that.
+        self.told, self.of, self.tells_of_return = None, None, False
         # Of which others it may tell, if it was in doubt which report it is.
         self.may_tell = []
+
+    def doubt_flush(self, hop):
+        """Notes that what is left at a next hop may not be tried at once, since an attempt for some of it was made."""
+        for one in self.places:
+            if one.hop and one.hop[0] == hop:
+                one.doubt_flush()
 
     def is_report(self):
         return self.told is not None
@@ -103,6 +143,22 @@ class Custody:
             message.doubt = Change(lambda: self.confirm(message), lambda: self.forget(message))
         else:
             self.confirm(message)
+
+    def reconfigure(self, setup):
+        """Lets all mail have the next hops of another configuration."""
+        self.setup = setup
+        for message in dict.fromkeys([*self.numbered.values(), *self.nameless]):
+            message.setup = setup
+            for place, one in enumerate(message.places):
+                one.hop = setup.hop_of_path(one.recipient.path)
+                if one.hop and one.has_left is None and not message.doubt:
+                    self.queued[message, place] = True
+
+    def forget_flushes(self):
+        """Lets all mail be due as if none had been flushed."""
+        for message in {*(message for message, _ in self.queued), *self.nameless}:
+            for one in message.places:
+                one.forget_flush()
 
     def confirm(self, message):
         message.doubt = None
@@ -161,6 +217,14 @@ class Custody:
                                    lambda place=place: self.stay(message, [(place, None, None)]))
         if message.mail.path != b"<>" and places:
             self.report(message, {message.places[place].recipient.path: [] for place in places}, at, True)
+
+    def doubt_leaving(self, message, places):
+        """Notes that these places may have left, of which nobody is told."""
+        effects = [(place, None, "withdrawn") for place in places]
+        change = Change(lambda: [self.leave(message, place, way) for place, _, way in effects],
+                        lambda: self.stay(message, effects))
+        for place in places:
+            message.places[place].doubt = change
 
     def leave(self, message, place, way):
         message.places[place].has_left, message.places[place].doubt = way, None

@@ -1,42 +1,19 @@
 """A day of a relay in a box: a script that is made line by line, from a seed and from what the relay does."""
 import random
 
+from box_configs import BALANCERS, configuration
 from box_headers import header
 from box_peers import Client, Hop
-from box_setup import text_of
+from box_postmaster import Postmaster
 from box_texts import Texts
 from relay_program import Difference
 
 MORNING = 1_764_489_600
-HOPS = ["192.0.2.1:25", "192.0.2.2:25", "192.0.2.3:25", "192.0.2.4:25"]
 CLIENTS = ["127.0.0.1", "127.0.0.1", "127.0.0.2", "10.0.0.5", "203.0.113.9"]
-BALANCERS = ["192.0.2.200", "198.51.100.7"]
 # How far the clock goes in the evening, while mail is queued, and how often.
 EVENING_STEP, EVENING_STEPS = 4 * 3_600_000 + 1_000, 60
 # The most turns after a step until the relay must be at rest.
 MOST_TURNS = 2_000
-
-
-def configuration(chance):
-    """Returns the text of a configuration."""
-    keys = {"host": "relay.example", "listen": "127.0.0.1:25", "spool": "relay.spool"}
-    choices = {
-        "max_content": [600, 2_000], "bare_newlines": ["refuse"], "routed_paths": ["refuse"], "reports": ["rich"],
-        "trusted_clients": [["127.0.0.0/8"], ["10.0.0.5", "127.0.0.1"], []], "sessions_per_client": [1, 2, 64],
-        "attempts_per_hop": [1, 2], "recipients_per_attempt": [1, 2, 3], "client_timeout": [5, 60], "log": ["json"],
-        "clients": [["127.0.0.0/8"], ["127.0.0.1", "10.0.0.0/16"]], "spool_limit": [4_000, 20_000],
-        "balancers": [BALANCERS[:1], ["192.0.2.200/30", "198.51.100.0/24"]],
-    }
-    for key, values in choices.items():
-        if chance.random() < 0.2:
-            keys[key] = chance.choice(values)
-    places = HOPS[:chance.choice([1, 2, 2, 3, 4])]
-    routes = {"a.example": ("one.hop", places[0]), "b.example": ("two.hop", chance.choice(places)),
-              "c.example": ("three.hop", chance.choice(places)), "back.example": ("back.hop", chance.choice(places))}
-    others = {"*": ("any.hop", chance.choice(places)), "relay.example": ("one.hop", places[0]),
-              "[192.0.2.77]": ("two.hop", routes["b.example"][1])}
-    routes.update((domain, hop) for domain, hop in others.items() if chance.random() < 0.3)
-    return text_of(keys, routes), places
 
 
 class Day:
@@ -48,13 +25,14 @@ class Day:
         self.clients, self.hops, self.modes = {}, {}, {}
         self.is_good = self.sets_clock = self.is_short = False
         self.wait = self.offset = 0
+        self.postmaster = Postmaster(seed, self)
 
     def play(self):
         """Plays the day: busy turns first, and then an evening in which all goes well."""
         chance = self.chance
-        text, self.places = configuration(chance)
-        self.has_balancers = "balancers" in text
-        self.ask(f"begin {text.encode().hex()}")
+        self.text, self.places = configuration(chance)
+        self.has_balancers = "balancers" in self.text
+        self.ask(f"begin {self.text.encode().hex()}")
         self.texts = Texts(chance, chance.choice([3, 5, 5, 9, 20]))
         self.most = chance.choices([1, 2, 3, 6, 12, 70], [5, 6, 6, 3, 1, 0.4])[0]
         self.span = chance.choices([0, 50, 5_000, 600_000, 20_000_000], [3, 4, 2, 1, 1])[0]
@@ -77,6 +55,15 @@ class Day:
         if self.modes.get(place) != mode:
             self.modes[place] = mode
             self.tell(f"hop {place} {mode}")
+
+    def configure(self, text, places):
+        """Writes another configuration, which a reload or a stop reads."""
+        self.text, self.has_balancers = text, self.has_balancers or "balancers" in text
+        self.tell(f"config {text.encode().hex()}")
+        for place in places:
+            if place not in self.places:
+                self.places = [*self.places, place]
+                self.set_mode(place)
 
     def pass_time(self, milliseconds):
         """Lets time pass. On some days the machine's clock is set meanwhile."""
@@ -112,6 +99,7 @@ class Day:
             lines.append(f"fail {chance.randint(0, self.passing)}")
         self.send(lines)
         self.turn()
+        self.postmaster.act()
         if self.has_faults and chance.random() < 0.06:
             self.stop()
         if chance.random() < 0.15:
@@ -149,7 +137,14 @@ class Day:
 
     def turn(self):
         """Takes a turn, and lets clients and next hops see what the relay did."""
-        answer = self.ask("turn")
+        return self.see(self.ask("turn"))
+
+    def request(self, request):
+        """Asks the relay for something."""
+        return self.see(self.ask(f"ask {request}"))
+
+    def see(self, answer):
+        self.postmaster.see(answer)
         for number, address in answer.dials:
             self.count += 1
             self.hops[number] = Hop(self.chance, number, self.is_good, self.modes[address] == "wait")
@@ -172,6 +167,7 @@ class Day:
         """Stops the relay, and starts it again, sometimes with little room. It would wait for more if its device failed
         then, so nothing fails until there is room again."""
         self.clients, self.hops = {}, {}
+        self.postmaster.forget()
         if not self.is_good and self.chance.random() < 0.2:
             self.is_short = True
             self.tell(f"ballast {self.chance.choice([70_000, 200_000, 2_000_000])}")
@@ -183,6 +179,7 @@ class Day:
         self.tell("ballast 1000000000")
         for place in self.places:
             self.set_mode(place)
+        self.postmaster.leave()
         lines = []
         for client in self.clients.values():
             client.finish(lines)

@@ -67,7 +67,14 @@ class Dialogue:
         return b"220 " + self.host + b" ESMTP relay ready\r\n"
 
     def in_transaction(self):
-        return self.receiving or self.state not in (FRESH, GREETED)
+        return self.receiving or self.state in (OPEN, GATHERING)
+
+    def skips(self):
+        """Returns whether it has a part of a chunk that is of no content: no recipient was accepted, or it is too
+        large. Its transaction is over, though the reply comes after the chunk."""
+        line, found, _ = self.rest.partition(CRLF)
+        size = self.chunk_of(line) if found and not self.receiving else 0
+        return size > 0 and (not self.recipients or len(self.content) + size > self.setup.max_content)
 
     def feed(self, octets):
         """Returns the replies to the units that become whole with these octets."""

@@ -1,8 +1,10 @@
 """A next hop's stream of a relay in a box: whether what the relay writes is the course of an attempt for queued mail,
 and what its outcome is."""
 from box_answer import require
+from box_asks import is_held
 from box_clients import LEAVING, Stream
 from box_course import DATA, GREETING, LATER, Course
+from box_reports import number_in, tells, tells_of
 from relay_program import Difference
 
 # How long the relay waits for a next hop, in milliseconds (RFC 5321, 4.5.3.2, and relayd(8)).
@@ -25,6 +27,9 @@ class Link(Stream):
         # The wall clock when it was dialled and when the first octet of the greeting was read, and its latest.
         self.dialled, self.began, self.dialled_in = judge.wall, None, judge.counts["turns"]
         self.hop = None
+        # What was held then, and whether others to its address were open.
+        self.held = judge.asks.held
+        self.is_beside = any(other.address == address for other in judge.links.values())
 
     def note_connected(self, now):
         """Notes that the relay learns in this turn that it was made: it takes octets now."""
@@ -83,13 +88,19 @@ class Link(Stream):
             return self.course.verdicts(), self.course.last
         return [(place, LATER) for place in self.course.places], LATER
 
+    def drop(self):
+        """Notes that its attempt is over, without an outcome."""
+        if self.course.message:
+            self.course.message.running.discard(self.hop)
+        self.is_settled = True
+
     # What the course asks.
 
     def is_due(self, message, place):
         """Returns whether a place may be tried on this connection."""
         one = message.places[place]
         return (one.hop is not None and one.hop[1] == self.address and one.has_left is None
-                and one.due <= max(self.began, self.dialled))
+                and one.due <= max(self.began, self.dialled) and not is_held(self.held, message, one.hop))
 
     def mail(self, course, line):
         """Requires that a message that is due here has this line of MAIL."""
@@ -324,6 +335,12 @@ class Paces:
         self.holds[address] = now + seconds * 1_000, seconds
         self.ends[address] = now + seconds * 1_000
 
+    def probe(self, address, now):
+        """Notes that an attempt may be made at once at a next hop that is left alone."""
+        if address in self.holds:
+            self.holds[address] = min(self.holds[address][0], now), self.holds[address][1]
+            self.ends[address] = min(self.ends[address], now)
+
     def may_be_held(self, address, now):
         """Returns whether a next hop may be left alone still: one may go on in connections that were open before, and
         its hold not end by that."""
@@ -332,51 +349,3 @@ class Paces:
     def check_dial(self, address, now):
         until = self.holds.get(address, (0, 0))[0]
         require(now >= until, f"it connects to {address}, which is left alone for {until - now} ms more")
-
-
-def number_in(message, text):
-    """Returns the number in the text of a message, or None: that in its Message-ID, after the time in a rich report
-    (relay_report/specs), or that in the time stamp line of a client's."""
-    if message.is_report():
-        number = text.partition(b"\r\nMessage-ID: <")[2].partition(b"@")[0].rpartition(b".")[2]
-    else:
-        number = text.partition(b" id ")[2].partition(b";")[0]
-    return int(number) if number.isdigit() else None
-
-
-def actions_of(text):
-    """Returns the actions that a report names for each path, in order; None if the text isn't a report of three parts
-    (RFC 3462 and 3464)."""
-    header, _, body = text.partition(b"\r\n\r\n")
-    _, found, rest = header.replace(b"\r\n ", b" ").partition(
-        b'\r\nContent-Type: multipart/report; report-type=delivery-status; boundary="')
-    boundary = rest.partition(b'"')[0]
-    parts = (b"\r\n" + body).split(b"\r\n--" + boundary) if found and boundary else []
-    if len(parts) != 5 or parts[4] != b"--\r\n":
-        return None
-    kinds = [b"text/plain", b"message/delivery-status", (b"message/rfc822", b"text/rfc822-headers")]
-    if not all(part.startswith(b"\r\nContent-Type: ") and part[16:].startswith(kind)
-               for part, kind in zip(parts[1:4], kinds)):
-        return None
-    actions = {}
-    for block in parts[2].split(b"\r\n\r\n")[2:]:
-        fields = dict(line.partition(b": ")[::2] for line in block.split(b"\r\n"))
-        path = b"<" + fields.get(b"Final-Recipient", b"").partition(b"; ")[2] + b">"
-        actions.setdefault(path, []).append(fields.get(b"Action", b"").decode("latin-1"))
-    return actions
-
-
-def tells(message, text):
-    """Returns whether a text is a report to the message's sender that tells of just these recipients."""
-    if not actions_of(text):
-        return False
-    return any(tells_of(told, of, text) for told, of in [(message.told, message.of), *message.may_tell])
-
-
-def tells_of(told, of, text):
-    """Returns whether a text is a report of a message that tells of just these recipients."""
-    found = actions_of(text)
-    numbers = (b"message %d." % of.number, b"as number %d," % of.number) if of.number else (b"",)
-    # Where it isn't known which recipients have failed, a report may tell of any of them.
-    is_vague = [] in told.values() and set(found) <= set(told)
-    return (found == told or is_vague) and any(number in text for number in numbers)

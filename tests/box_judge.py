@@ -5,11 +5,13 @@ A line of the script that begins with `#!` asks for a check: `#! drained` requir
 """
 from box_answer import Answer, octets_of, require
 from box_arrivals import Arrival
+from box_asks import Asks
 from box_clients import Talk
 from box_custody import Custody
 from box_hops import Link, Paces
 from box_minutes import Minutes
 from box_outcomes import Outcomes
+from box_script import Script
 from box_sessions import Sessions
 from box_setup import Setup
 from box_waits import Waits
@@ -17,108 +19,45 @@ from box_waits import Waits
 # The longest wait between two turns, in milliseconds, and how often a relay may say that it has more to do and do
 # nothing.
 LONGEST_WAIT, MOST_IDLE = 60_000, 200
-# By how many seconds the wall clock may differ from the other one and not be set.
-MOST_DRIFT = 2
+# How many connections may be open at a time only for their last octets.
+MOST_LEAVERS = 64
 # What is counted, to show that days have all of it.
 COUNTS = ["turns", "accepted", "full", "sent", "deferred", "delayed", "failed", "expired", "reports", "turned away",
-          "cut off", "turns in a crowd", "behind balancers", "headers refused", "failures", "replies cut off", "stops"]
+          "cut off", "turns in a crowd", "behind balancers", "headers refused", "failures", "replies cut off", "stops",
+          "held", "released", "flushed", "reloads", "returned", "discarded"]
 
 
-class Judge:
+class Judge(Script):
     """Takes the lines of a script and the answers to them, in order."""
 
     def __init__(self):
-        self.setup = self.custody = self.outcomes = self.paces = self.waits = self.minutes = None
-        self.sessions = Sessions(self)
-        self.forget_streams()
-        self.wall, self.now, self.highest, self.went_back, self.was_set = 0, 0, 0, False, False
-        self.modes, self.may_fail, self.is_running, self.idle, self.has_failed = {}, False, False, 0, False
+        super().__init__()
+        self.outcomes = self.paces = self.minutes = None
+        self.sessions, self.asks = Sessions(self), Asks(self)
+        self.is_running, self.idle, self.has_failed = False, 0, False
         # Of the turn that is judged.
         self.touched, self.unrecorded, self.ends_all, self.headers = {}, set(), False, 0
         self.counts = dict.fromkeys(COUNTS, 0)
-
-    def forget_streams(self):
-        """Begins without connections: of clients, those whose headers aren't whole apart; and of next hops."""
-        self.streams, self.talks, self.arrivals, self.links, self.peers = [], {}, {}, {}, {}
-
-    # Lines of the script.
-
-    def sent(self, line):
-        """Takes a line that has no answer."""
-        words = line.split(" ")
-        if words[0] == "#!":
-            require(words[1] == "drained", f"no such check: {line}")
-            require(not self.custody.queued, f"{len(self.custody.queued)} recipients are still queued at the end, "
-                                             "though all next hops accept mail")
-        elif words[0] and words[0][0] != "#":
-            getattr(self, "take_" + words[0])(*words[1:])
 
     def answered(self, line, lines):
         """Takes a line and the lines of its answer."""
         command, *words = line.split(" ")
         return getattr(self, "after_" + command)(lines, *words)
 
-    def take_clock(self, seconds, milliseconds):
-        self.set_clock(int(seconds), int(milliseconds))
-
-    def set_clock(self, wall, now):
-        self.went_back = self.went_back or wall < self.wall
-        moved = wall - self.wall - (now - self.now) / 1_000
-        self.was_set = self.was_set or self.now > 0 and abs(moved) > MOST_DRIFT
-        self.wall, self.now, self.highest = wall, now, max(wall, self.highest)
-
-    def take_client(self, address):
-        number = len(self.streams)
-        if address.partition(":")[0] in self.setup.balancers:
-            self.arrivals[number] = Arrival(number, address, self.now)
-            self.streams.append(self.arrivals[number])
-        else:
-            self.streams.append(None)
-            self.add_client(Talk(number, address, self.setup, self.now))
-
-    def add_client(self, talk):
-        self.streams[talk.number] = self.talks[talk.number] = self.peers[talk.address] = talk
-
-    def take_input(self, number, octets):
-        stream = self.stream(int(number))
-        if not stream.is_reset and not stream.has_end:
-            stream.unread += octets_of(octets)
-
-    def take_end(self, number):
-        self.stream(int(number)).has_end = True
-
-    def take_reset(self, number):
-        stream = self.stream(int(number))
-        stream.is_reset, stream.unread = True, b""
-
-    def take_room(self, number, count):
-        self.stream(int(number)).room = None if count == "-" else int(count)
-
-    def take_hop(self, address, word):
-        self.modes[address] = word
-
-    def take_connected(self, number):
-        self.stream(int(number)).is_pending = False
-
-    def take_fail(self, calls):
-        self.may_fail = True
-
-    def take_ballast(self, count):
-        self.waits.note_room(int(count))
-
-    # Answers.
-
     def after_begin(self, lines, config):
         self.setup = Setup(octets_of(config).decode())
         self.custody = Custody(self.setup)
         self.outcomes, self.paces, self.waits = Outcomes(self), Paces(), Waits(self)
         self.minutes = Minutes(self)
+        self.asks = Asks(self)
+        self.asks.text = octets_of(config).decode()
         self.forget_streams()
         self.may_fail, self.is_running, self.went_back, self.was_set = False, len(lines) == 1, False, False
         require(lines == ["done 1"], f"a relay isn't begun: {lines}")
 
     def after_stop(self, lines, pick):
         self.end_all()
+        self.asks.begin()
         self.minutes = Minutes(self)
         self.may_fail = False
         self.counts["stops"] += 1
@@ -147,18 +86,22 @@ class Judge:
             talk.offers.clear()
             talk.is_closed = talk.is_ended = True
         for link in self.links.values():
-            if link.course.message:
-                link.course.message.running.discard(link.hop)
-            link.is_closed = link.is_settled = link.is_ended = True
+            link.drop()
+            link.is_closed = link.is_ended = True
         for arrival in self.arrivals.values():
             arrival.is_closed = arrival.is_ended = True
         self.talks, self.arrivals, self.links, self.peers = {}, {}, {}, {}
+        self.forget_hops()
+
+    def forget_hops(self):
+        """Begins without what the relay knew of next hops, since its spool is opened again."""
         self.paces = Paces()
         self.waits.forget()
+        self.asks.forget()
 
     def forget_talk(self, talk):
-        """Notes what isn't known of a client whose connection is closed: whether its last messages were recorded, if the
-        device has failed; and how many of its refusals have no line, if there is none for its end."""
+        """Notes what isn't known of a client whose connection is closed: whether its last messages were recorded, if
+        the device has failed; and how many of its refusals have no line, if there is none for its end."""
         self.doubt_offers(talk)
         least = max(talk.skipped, talk.refused - talk.told)
         talk.count_untold(self.minutes, least, talk.skipped + len(talk.untold))
@@ -173,18 +116,15 @@ class Judge:
     def after_turn(self, lines):
         answer = Answer(lines)
         self.counts["turns"] += 1
-        events = {event for event, _ in answer.log}
-        self.has_failed = bool(answer.fault) or "device-failed" in events
-        # After a failure, and when there is room again, all connections are closed.
-        self.ends_all = self.has_failed or "shortage-ended" in events
-        self.counts["failures"] += self.has_failed
-        require(not self.has_failed or self.may_fail, f"the device failed, where none of its calls did: {lines}")
+        self.note_failure(answer)
         require(answer.fault is not None or answer.wait is not None and answer.wait <= LONGEST_WAIT,
                 f"it waits {answer.wait} ms")
         self.watch_progress(answer)
         self.touched, self.paces.answered_now = {}, set()
         self.sessions.begin_turn()
         self.note_beginnings()
+        require(not self.asks.is_reloading() or not answer.dials and not answer.refused,
+                f"it connects to a next hop while a reload waits: {answer.dials}")
         early = {address for address in {*(one for _, one in answer.dials), *answer.refused}
                  if not self.has_due(address)}
         self.take_reads(answer)
@@ -200,7 +140,8 @@ class Judge:
                 self.sessions.note_crowd(talk)
         self.outcomes.settle_attempts(answer)
         for address in early:
-            require(self.has_due(address) or address in answer.refused or self.has_failed,
+            require(self.has_due(address) or address in answer.refused or self.has_failed
+                    or self.asks.takes_spare(address),
                     f"it connects to {address}, for which no mail is due")
         self.take_closes(answer)
         if not self.has_failed:
@@ -208,20 +149,55 @@ class Judge:
                 self.check_attempts(address)
             if answer.wait:
                 self.waits.check(answer.wait)
+            self.asks.check_tried(answer)
+        self.end_turn(answer)
+        return answer
+
+    def after_ask(self, lines, *words):
+        answer = Answer(lines)
+        self.note_failure(answer)
+        # When its device fails, clients that wait are refused.
+        refuses = self.has_failed or not answer.writes and not answer.shuts
+        require(refuses and not (answer.dials or answer.refused or answer.reads),
+                f"it was asked for something, and has used connections: {lines}")
+        self.touched = {}
+        self.take_writes(answer)
+        self.asks.take(" ".join(words), answer)
+        self.take_events(answer)
+        for link in [link for link in self.links.values() if link.number in answer.closes]:
+            link.drop()
+        self.take_closes(answer)
+        self.end_turn(answer)
+        return answer
+
+    def note_failure(self, answer):
+        """Notes whether the device has failed, and whether all connections are closed."""
+        events = {event for event, _ in answer.log}
+        self.has_failed = bool(answer.fault) or "device-failed" in events
+        # After a failure, and when there is room again, all connections are closed.
+        self.ends_all = self.has_failed or "shortage-ended" in events or self.asks.cuts_all(answer)
+        self.counts["failures"] += self.has_failed
+        require(not self.has_failed or self.may_fail, f"the device failed, where none of its calls did: {answer.log}")
+
+    def end_turn(self, answer):
         if self.has_failed or answer.fault:
             self.end_all()
+        elif self.ends_all:
+            self.asks.forget()
+        if not answer.fault:
+            self.asks.settle_reload(answer)
         self.is_running = answer.fault is None
         if answer.clock:
             self.set_clock(*answer.clock)
-        return answer
 
     def note_beginnings(self):
         """Notes which clients come in this turn, and which connections the relay now knows to be made."""
-        for arrival in self.arrivals.values():
-            arrival.note_coming(self.now)
+        if not self.asks.is_reloading():
+            for arrival in self.arrivals.values():
+                arrival.note_coming(self.now)
+            for talk in self.talks.values():
+                talk.note_coming(self.now, self.counts["turns"])
         self.headers = len(self.arrivals)
-        for talk in self.talks.values():
-            talk.note_coming(self.now, self.counts["turns"])
         for link in self.links.values():
             link.note_connected(self.now)
 
@@ -252,6 +228,7 @@ class Judge:
 
     def take_header(self, arrival, octets):
         """Takes what was read of a balancer's connection, and its client, if the header is whole."""
+        arrival.require(arrival.comes, "it was read while a reload waits")
         talk, rest = arrival.read(octets, self)
         if talk:
             self.counts["behind balancers"] += 1
@@ -262,15 +239,12 @@ class Judge:
             if rest:
                 talk.read(rest, self.wall)
 
-    def stream(self, number):
-        require(number < len(self.streams), f"it has no connection {number}")
-        return self.streams[number]
-
     def has_due(self, address):
         """Returns whether mail is due for an address, or may be."""
         for message, place in self.custody.queued:
             one = message.places[place]
-            if one.doubt or one.hop and one.hop[1] == address and one.due <= self.highest:
+            is_due = one.hop and one.hop[1] == address and one.due <= self.highest
+            if one.doubt or is_due and not self.asks.holds(message, place):
                 return True
         return any(one.doubt for one in self.custody.nameless)
 
@@ -339,6 +313,7 @@ class Judge:
         for event, fields in answer.log:
             if event == "client-end" and "messages" in fields and fields["client"] in self.peers:
                 self.sessions.note_end(self.peers[fields["client"]])
+                self.peers[fields["client"]].note_reason(fields["reason"], self.asks)
                 self.peers[fields["client"]].check_end(fields, self.now, self.minutes)
             elif event == "client-end" and "balancer" in fields:
                 arrival = next((one for one in self.arrivals.values() if one.address == fields["balancer"]), None)
@@ -353,8 +328,7 @@ class Judge:
                 talk.tell(fields, self.minutes.may_skip(talk))
                 self.minutes.tell(talk.client)
             elif event == "unrecorded":
-                # Memory doesn't run out here, so only a message that isn't due any more has no outcome.
-                require(self.went_back, f"an outcome wasn't recorded: {fields}")
+                self.outcomes.take_unrecorded(fields)
                 self.unrecorded.add(fields["addr"])
             elif event == "hop-back":
                 self.paces.answer(fields["addr"])
@@ -364,13 +338,21 @@ class Judge:
 
     # The end of a turn.
 
+    def is_full_of_leavers(self):
+        """Returns whether there may be so many connections with their last octets that there is no room for another."""
+        leavers = sum(talk.ended is not None or talk.is_cut for talk in self.talks.values())
+        return leavers + sum(link.is_settled for link in self.links.values()) > MOST_LEAVERS
+
     def take_closes(self, answer):
+        is_full = self.is_full_of_leavers()
         for number in answer.closes:
             stream = self.stream(number)
             if stream.is_ended:
                 continue
             stream.require(not stream.is_closed, "it was closed twice")
-            stream.closed(self.now, self.ends_all)
+            # When a reload takes effect, headers that aren't whole are waited for no longer.
+            is_dropped = isinstance(stream, Arrival) and self.asks.is_reloading() and not answer.is_reloading
+            stream.closed(self.now, self.ends_all or is_dropped or is_full and stream.room is not None)
             if isinstance(stream, Talk):
                 stream.require(self.ends_all or not stream.is_greeted or stream.ended is not None,
                                "it was closed, and the log has no line for its end")

@@ -3,10 +3,10 @@ import json
 
 from relay_program import Difference
 
-# What became of a recipient, and the other events of a relay without a control socket (relayd(8), The log).
-RECIPIENT_EVENTS = {"sent", "deferred", "delayed", "failed", "expired", "no-route"}
+# What became of a recipient, and the other events of a relay (relayd(8), The log).
+RECIPIENT_EVENTS = {"sent", "deferred", "delayed", "failed", "expired", "no-route", "returned", "discarded"}
 OTHER_EVENTS = {"accepted", "rejected", "client-end", "report", "unrecorded", "hop-held", "hop-back", "spool-full",
-                "compacted", "device-failed", "reopened", "shortage-ended", "stopping", "address-awaited"}
+                "compacted", "control", "device-failed", "reopened", "shortage-ended", "stopping", "address-awaited"}
 LONGEST = 1_000
 # Why no connection was made: an attempt that has heard its next hop has none of these reasons. Why a connection ended.
 UNMADE = {"connection refused", "unreachable"}

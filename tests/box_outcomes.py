@@ -6,6 +6,7 @@ A line of the log names its message, so an attempt that has ended before its mes
 import contextlib
 
 from box_answer import require
+from box_asks import is_held
 from box_course import FAILED, LATER
 from box_log import attempts_of
 from relay_program import Difference
@@ -47,6 +48,7 @@ class Outcomes:
             elif not one.is_taken:
                 self.settle_unroutable(self.known(one), one)
         if self.judge.has_failed:
+            self.doubt_unroutable()
             for address in answer.refused:
                 self.doubt_all(address, LATER)
             for address in self.judge.paces.ends:
@@ -86,7 +88,8 @@ class Outcomes:
             # A next hop may turn one connection away beside others, and one may fail that began before its next hop was
             # left alone: these have no outcome.
             may_fail = link.began is None and self.judge.paces.may_be_held(link.address, self.judge.now)
-            may_be_none = link.course.last is not FAILED and (may_fail or self.is_shared(link.address, link))
+            is_shared = link.is_beside or self.is_shared(link.address, link)
+            may_be_none = link.course.last is not FAILED and (may_fail or is_shared)
             is_none = may_be_none or link.address in self.judge.unrecorded
             link.require(link.course.mail_line == b"" and is_none,
                          f"an attempt for {message} has ended, and the log has no line for it")
@@ -101,7 +104,7 @@ class Outcomes:
         """Requires that a connection that was refused has an outcome, and that its next hop is left alone then, unless
         there are others."""
         held = {fields["addr"] for event, fields in answer.log if event == "hop-held"}
-        logged = {one.address for one in told}
+        logged = {one.address for one in told} | self.judge.unrecorded
         for address in answer.refused:
             require(address in logged or self.is_shared(address),
                     f"{address} refused a connection, and no line says so")
@@ -130,6 +133,9 @@ class Outcomes:
             kinds = {"failed"} if link.may_be_unable() else set()
         found = [one for one in rest if one.is_lost() and link.number in self.closed
                  or all(EVENT_KINDS.get(event) in kinds for event, _ in one.lines)]
+        if link.address in self.judge.unrecorded:
+            # It may have no lines, and those be another link's.
+            found = [one for one in found if self.may_have(one, link.began is not None)]
         # Of several the first that can't be of an attempt of the other kind, which may be another link's otherwise. A
         # connection that has ended isn't one on which the relay has waited for too long.
         has_begun = link.began is not None
@@ -180,12 +186,36 @@ class Outcomes:
                 link.check_places(message, places, True)
         if (link is None or link.began is None) and places:
             self.require_all(message, places)
+        self.require_free(message, link, places)
         for place in places:
             require(message.places[place].due <= self.judge.highest,
                     f"{message.places[place].recipient.path!r} of {message} isn't due before "
                     f"{message.places[place].due}, and was tried")
             self.custody.settle_queued(message, place)
         self.record(message, verdicts + [(place, last) for place in places[len(verdicts):]], told)
+
+    def take_unrecorded(self, fields):
+        """Requires a cause for an outcome that wasn't recorded. Memory doesn't run out here, so only a message that
+        isn't due any more has none: the clock was set back; or it was withdrawn; or it was flushed, and isn't due yet,
+        or another attempt for it was made."""
+        message, hop = self.custody.numbered.get(int(fields["message"])), fields["hop"].encode()
+        places = message.places if message else []
+        there = [one for one in places if one.hop and one.hop[0] == hop and one.has_left is None]
+        is_early = all(one.spool_due()[1] > self.judge.wall for one in there)
+        links = [link for link in self.judge.links.values() if link.address == fields["addr"]]
+        begun = [link for link in links if link.began is not None]
+        may_be_void = message.may_be_void if message else any(one.may_be_void for one in self.custody.nameless)
+        require(self.judge.went_back or may_be_void and (is_early or len(begun) > ("reason" not in fields)),
+                f"an outcome wasn't recorded: {fields}")
+        if message:
+            message.doubt_flush(hop)
+
+    def require_free(self, message, link, places):
+        """Requires that recipients weren't held when their connection was opened, if their next hop has only one."""
+        for hop in {message.places[place].hop for place in places} - {None}:
+            held = [other.held for other in self.judge.links.values() if other.address == hop[1]] if link else []
+            require(any(not is_held(one, message, hop) for one in held or [self.judge.asks.held]),
+                    f"{message} was tried at {hop[0].decode()}, and is held")
 
     def require_all(self, message, places):
         """Requires that all recipients that are due at a next hop share the outcome of a connection that failed."""
@@ -204,6 +234,7 @@ class Outcomes:
         require(found == wanted, f"the log says {found} of {message}, whose attempt gives {wanted}")
         for event in wanted:
             self.judge.counts[event] += 1
+        message.doubt_flush(told.hop.encode())
         self.take_report(message, report, told.report)
 
     def take_report(self, message, report, fields):
@@ -268,9 +299,17 @@ class Outcomes:
                 found = [(place, verdict) for place, (_, verdict) in zip(places, verdicts)]
                 self.custody.outcome(one, found, self.judge.wall, True)
 
+    def doubt_unroutable(self):
+        """Notes that mail without a next hop may have been given up."""
+        for message in dict.fromkeys(message for message, _ in self.custody.queued):
+            places = [place for place, one in enumerate(message.places)
+                      if one.hop is None and one.has_left is None and one.doubt is None]
+            if places:
+                self.custody.outcome(message, [(place, FAILED) for place in places], self.judge.wall, True)
+
     def is_late(self, message):
         """Returns whether a place of a message has been due for so long that each next hop on hold counts as tried."""
-        return any(one.has_left is None and one.due + OVERDUE < self.judge.wall for one in message.places)
+        return any(one.has_left is None and one.spool_due()[0] + OVERDUE < self.judge.wall for one in message.places)
 
     def doubt_all(self, address, last, is_late=False):
         """Notes that an attempt for any of the mail at an address, or of what is late there, may have ended with this

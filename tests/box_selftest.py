@@ -12,7 +12,7 @@ from box_judge import Judge
 from relay_program import Difference, same
 
 DAYS = pathlib.Path(__file__).resolve().parent / "days"
-ANSWERED = ("begin", "turn", "stop", "queue")
+ANSWERED = ("begin", "turn", "stop", "queue", "ask")
 
 
 class Edit:
@@ -56,7 +56,7 @@ def lines_of(text):
     """Returns the lines of a transcript with octets as the protocol has them, each with whether it was sent."""
     for line in text.splitlines():
         front, quote, rest = line.partition(' "')
-        if quote and front[2:].split(" ")[0] in ("begin", "input", "wrote", "queued"):
+        if quote and front[2:].split(" ")[0] in ("begin", "config", "input", "wrote", "queued", "answer"):
             line = front + " " + json.loads('"' + rest).encode("latin-1").hex()
         yield line.startswith("> "), line[2:]
 

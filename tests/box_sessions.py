@@ -38,6 +38,7 @@ class Sessions:
         """Requires that a client that is greeted may connect, and that there was room."""
         setup = self.judge.setup
         talk.require(setup.may_connect(talk.client), "it may not connect, and was greeted")
+        talk.require(talk.came_in is not None, "it was greeted while a reload waits")
         served = [other for other in self.served() if other.is_before(talk)]
         same = sum(other.client == talk.client for other in served)
         talk.require(len(served) < MOST_SESSIONS and same < setup.keys["sessions_per_client"],
@@ -48,7 +49,7 @@ class Sessions:
         """Requires the cause of a line of the relay's own."""
         judge = self.judge
         talk.cut_in = judge.counts["turns"]
-        judge.counts["cut off" if cause == "timeout" else "turned away"] += 1
+        judge.counts["cut off" if cause in ("timeout", "stopping") else "turned away"] += 1
         if cause == "no service":
             talk.require(not judge.setup.may_connect(talk.client), "it may connect, and got no service")
         elif cause == "too many":
@@ -56,6 +57,8 @@ class Sessions:
             total, same = talk.crowd
             talk.require(total >= MOST_SESSIONS or same >= judge.setup.keys["sessions_per_client"],
                          f"it was turned away beside {total} sessions, {same} of its own address")
+        elif cause == "stopping":
+            talk.require(talk.is_retired or judge.asks.may_cut(talk), "it was cut off, and no reload waits for it")
         elif cause == "storage":
             talk.require(judge.has_failed, "it got 421 for storage, and the device hasn't failed")
         else:

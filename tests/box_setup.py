@@ -56,6 +56,23 @@ class Setup:
         self.allowed, self.balancers = self.networks("clients"), self.networks("balancers")
         self.timeout = self.keys["client_timeout"] * 1000
 
+    def refusal(self, text):
+        """Returns why a relay with this configuration refuses another one, if it does: that has a fault, or changes a
+        key that needs a restart."""
+        try:
+            other = Setup(text)
+        except ValueError:
+            return "config NotToml"
+        faults = [key for key in ("max_content", "client_timeout") if other.keys[key] <= 0]
+        changed = [key for key in ("host", "listen", "spool") if other.keys[key] != self.keys[key]]
+        if faults:
+            return f"config BadValue {faults[0]}"
+        return f"restart the relay to change {' '.join(changed)}" if changed else None
+
+    def has_small_spool(self):
+        """Returns whether a day may fill the spool."""
+        return self.keys["spool_limit"] < 1_000_000
+
     def networks(self, key):
         return None if self.keys[key] is None else Networks(self.keys[key])
 

@@ -32,17 +32,26 @@ class Waits:
         is_crowded = judge.sessions.are_surely_crowded()
         judge.counts["turns in a crowd"] += is_crowded
         for talk in judge.talks.values():
-            self.check_client(talk)
+            if talk.has_come():
+                self.check_client(talk)
+                if judge.asks.is_reloading():
+                    self.check_retiring(talk)
             self.check_end(talk, wait, is_crowded)
         require(len(judge.arrivals) <= MOST_HEADERS, f"{len(judge.arrivals)} headers are waited for")
-        for arrival in judge.arrivals.values():
-            arrival.check(judge, wait)
+        if not judge.asks.is_reloading():
+            for arrival in judge.arrivals.values():
+                arrival.check(judge, wait)
         for link in judge.links.values():
             link.require(link.room is not None or link.is_reset or not link.course.owes(),
                          f"it waits, and must write {link.course.expected[:80]!r} or a command to a next hop")
             self.check_end(link, wait, False)
-        if not self.is_tight and not judge.went_back:
+        if not self.is_tight and not judge.went_back and not judge.asks.is_reloading():
             self.check_due(wait)
+
+    def check_retiring(self, talk):
+        """Requires that a client has no session any more between mail transactions, while a reload waits."""
+        talk.require(not talk.is_served() or talk.room is not None or talk.dialogue.in_transaction(),
+                     "it is in no mail transaction, a reload waits, and so does the relay")
 
     def check_client(self, talk):
         """Requires that a client has its replies, and that its commands are read."""
@@ -55,7 +64,7 @@ class Waits:
     def check_end(self, stream, wait, is_crowded):
         """Requires that a connection that is over is closed, and that the relay waits no longer than it may stay."""
         end, now = stream.deadline(is_crowded), self.judge.now
-        if stream.is_closed:
+        if stream.is_closed or not stream.has_come():
             return
         stream.require(not stream.is_left(self.judge.counts["turns"]) and not (stream.is_shut and now >= end),
                        "it is over, and still there")
@@ -71,13 +80,18 @@ class Waits:
         busy = {link.address for link in judge.links.values()}
         for message, place in judge.custody.queued:
             one = message.places[place]
-            if message.doubt or one.doubt or one.hop is None or one.due != one.due_surely:
+            if judge.asks.holds(message, place) or judge.asks.may_hold(message):
+                is_quiet = False
+                continue
+            if one.unflushed:
+                is_quiet = False
+            if message.doubt or one.hop is None or not one.is_sure():
                 is_quiet = False
                 continue
             address = one.hop[1]
             if address not in busy and not judge.paces.may_be_held(address, judge.now):
-                due[address] = min(one.due, due.get(address, one.due))
-            elif one.due <= judge.wall:
+                due[address] = min(one.due_surely, due.get(address, one.due_surely))
+            elif one.due_surely <= judge.wall:
                 is_quiet = False
         is_quiet = is_quiet and all(link.is_connected for link in judge.links.values())
         if len(judge.links) >= MOST_UNANSWERED:

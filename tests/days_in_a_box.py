@@ -18,8 +18,12 @@ few octets at a time. Calls of the disks fail, also while replies of next hops a
 spool again or is started again; it is stopped with any pick; its clock is set. In the evening all next hops accept
 mail, until nothing is queued.
 
-A day has no reload, nothing of the control socket (`flush`, `hold`, `drain`, `return`, `discard`) and no status page:
-the program steers no relay. It has one configuration, and its memory doesn't run out.
+On some days a postmaster asks for things, as by the control socket, between two turns: to hold, release and flush mail,
+to return and discard it, and to read another configuration, with other next hops, limits and clients. That is judged by
+the answers, by the lines of the log, by which mail is tried, and by when sessions end.
+
+A day has no drain, no status page, and no control socket of the system: the requests don't come over one, and what is
+held isn't read again when the relay is started again. Its memory doesn't run out.
 """
 import argparse
 import contextlib
@@ -102,7 +106,7 @@ def shown(line):
     """Returns a line's octets as text, if it has any."""
     word, _, rest = line.partition(" ")
     octets = rest.rpartition(" ")[2]
-    if word in ("input", "wrote", "begin", "queued") and octets != "-":
+    if word in ("input", "wrote", "begin", "config", "queued", "answer") and octets != "-":
         return repr(bytes.fromhex(octets))[1:]
     return ""
 

@@ -35,6 +35,11 @@ impl Answer {
         self.text.clear();
     }
 
+    /// Adds a line of a word.
+    pub fn push_word(&mut self, word: &str) -> io::Result<()> {
+        writeln!(self.text, "{word}")
+    }
+
     /// Adds a line of a word and a number.
     pub fn push_number(&mut self, word: &str, number: u64) -> io::Result<()> {
         writeln!(self.text, "{word} {number}")
@@ -66,6 +71,12 @@ impl Answer {
         self.text.extend_from_slice(line)?;
         self.text.extend_from_slice(b"\n")?;
         Ok(())
+    }
+
+    /// Adds a line `answer` of the octets of an answer of the control socket, in hexadecimal.
+    pub fn push_answer(&mut self, octets: &[u8]) -> io::Result<()> {
+        write!(self.text, "answer ")?;
+        self.push_digits(octets)
     }
 
     /// Adds a line of a word, numbers and octets in hexadecimal.

@@ -15,6 +15,11 @@
 //!   they are pending until `connected N` or `reset N`.
 //! - `fail CALLS`: CALLS more calls on the disks pass, and the next one fails.
 //! - `ballast COUNT`: how many octets the ballast file has room for.
+//! - `config TEXT`: the file of the configuration has this text, which a reload and a stop read.
+//! - `held WORD`: whether the file of held mail can be written: `yes`, as at first, or `no`. Nobody reads it: a relay
+//!   that is started holds nothing.
+//! - `ask REQUEST`*: the relay does what a line of the control socket asks for, between two turns. While a reload
+//!   waits, answers have a line `reloading`.
 //! - `turn`*: the relay is told what its streams may be ready for, and takes one turn.
 //! - `stop PICK`*: the process is killed, the disks become images that the pick chooses, and a relay starts over them.
 //! - `queue`*: the queued recipients.
@@ -25,7 +30,9 @@ mod ballast;
 mod clock;
 mod dial;
 mod disk;
+mod files;
 mod listener;
+mod running;
 mod simulation;
 mod store;
 mod watch;

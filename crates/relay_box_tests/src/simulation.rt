@@ -2,44 +2,45 @@
 use crate::answer::Answer;
 use crate::ballast::BoxBallast;
 use crate::clock::BoxClock;
-use crate::dial::{BoxDial, Dialled, Policy};
+use crate::dial::{BoxDial, Policy};
 use crate::disk::BoxDisk;
+use crate::files::BoxFiles;
 use crate::listener::BoxListener;
 use crate::store::{Plan, Store};
 use crate::watch::BoxWatch;
 use crate::words::{address_of, first_word, octets_of, unread, value_of};
 use crate::world::{Wire, WireStream};
-use relay_connections::{Now, Readiness};
+use relay_connections::Readiness;
 use relay_disk::Disks;
 use relay_files::Fault;
 use relay_log::RejectionMinutes;
 use relay_node::{Node, NotOpened};
-use relay_run::{Journal, LISTENER_TOKEN, Settings, Shell, Surroundings};
+use relay_run::{LISTENER_TOKEN, Settings, Shell, Surroundings};
 use std::alloc::{AllocError, Global};
 use std::cell::Cell;
 use std::collections::VecDeque;
 use std::rc::Rc;
-use std::{io, mem, str};
+use std::{io, str};
 
 /// The relay of the box.
-type BoxShell = Shell<WireStream, BoxDisk, BoxBallast>;
+pub(crate) type BoxShell = Shell<WireStream, BoxDisk, BoxBallast>;
 
 /// The relay, if one runs, and what surrounds it.
 pub struct Simulation<'a> {
-    alloc: Global,
-    shell: Option<BoxShell>,
-    around: Surroundings<'a, BoxClock, BoxListener, BoxDial, BoxWatch>,
+    pub(crate) alloc: Global,
+    pub(crate) shell: Option<BoxShell>,
+    pub(crate) around: Surroundings<'a, BoxClock, BoxListener, BoxDial, BoxWatch>,
     /// All connections since the relay's spool was made, by number.
-    wires: Vec<Rc<Wire>>,
-    first: Rc<Store>,
-    second: Rc<Store>,
-    plan: Rc<Plan>,
-    room: Rc<Cell<usize>>,
-    config: String,
+    pub(crate) wires: Vec<Rc<Wire>>,
+    pub(crate) first: Rc<Store>,
+    pub(crate) second: Rc<Store>,
+    pub(crate) plan: Rc<Plan>,
+    pub(crate) room: Rc<Cell<usize>>,
+    pub(crate) files: BoxFiles,
     /// What the relay's log knows of refusals.
-    minutes: RejectionMinutes,
-    log: Vec<u8>,
-    answer: Answer,
+    pub(crate) minutes: RejectionMinutes,
+    pub(crate) log: Vec<u8>,
+    pub(crate) answer: Answer,
 }
 
 // Written out, so that the proof of a caller that drops it stops at this function.
@@ -54,7 +55,7 @@ impl Drop for Simulation<'_> {
             second: _second,
             plan: _plan,
             room: _room,
-            config: _config,
+            files: _files,
             minutes: _minutes,
             log: _log,
             answer: _answer,
@@ -83,7 +84,7 @@ impl<'a> Simulation<'a> {
             second: Rc::new(alloc, Store::new(alloc))?,
             plan: Rc::new(alloc, Plan::new())?,
             room: Rc::new(alloc, Cell::new(usize::MAX))?,
-            config: String::new(alloc),
+            files: BoxFiles::new(alloc),
             minutes: RejectionMinutes::new(),
             log: Vec::new(alloc),
             answer: Answer::new(alloc),
@@ -122,18 +123,22 @@ impl<'a> Simulation<'a> {
             "begin" => self.begin(rest),
             "stop" => self.stop(value_of(rest)?),
             "turn" => self.turn(),
+            "ask" => self.ask(rest),
             "queue" => self.list(),
-            "clock" => {
-                let (seconds, milliseconds) = first_word(rest);
-                self.around
-                    .clock
-                    .set(value_of(seconds)?, value_of(milliseconds)?);
-                Ok(())
-            }
             "client" => self.connect(rest),
-            "hop" => {
-                let (at, policy) = first_word(rest);
-                self.around.dial.set(address_of(at)?, policy_of(policy)?)
+            _ => self.obey_setting(word, rest),
+        }
+    }
+
+    /// Does what a line says of the clocks, next hops, disks and files.
+    fn obey_setting(&mut self, word: &str, rest: &str) -> io::Result<()> {
+        match word {
+            "clock" => self.set_clock(rest),
+            "hop" => self.set_hop(rest),
+            "config" => self.configure(rest),
+            "held" => {
+                self.files.takes_held.set(rest == "yes");
+                Ok(())
             }
             "fail" => {
                 self.plan.set(Some(value_of(rest)?));
@@ -145,6 +150,18 @@ impl<'a> Simulation<'a> {
             }
             _ => self.obey_wire(word, rest),
         }
+    }
+
+    fn set_clock(&self, rest: &str) -> io::Result<()> {
+        let (seconds, milliseconds) = first_word(rest);
+        let clock = self.around.clock;
+        clock.set(value_of(seconds)?, value_of(milliseconds)?);
+        Ok(())
+    }
+
+    fn set_hop(&mut self, rest: &str) -> io::Result<()> {
+        let (at, policy) = first_word(rest);
+        self.around.dial.set(address_of(at)?, policy_of(policy)?)
     }
 
     /// Does what a line says of one connection.
@@ -195,11 +212,8 @@ impl<'a> Simulation<'a> {
     /// Makes a spool on empty disks, and starts a relay over it.
     fn begin(&mut self, config: &str) -> io::Result<()> {
         self.shell = None;
-        let octets = octets_of(self.alloc, config)?;
-        let Ok(text) = str::from_utf8(octets.as_slice()) else {
-            return Err(unread());
-        };
-        self.config = text.to_string(self.alloc)?;
+        self.configure(config)?;
+        self.files.takes_held.set(true);
         self.first = Rc::new(self.alloc, Store::new(self.alloc))?;
         self.second = Rc::new(self.alloc, Store::new(self.alloc))?;
         self.plan.set(None);
@@ -214,9 +228,19 @@ impl<'a> Simulation<'a> {
         }
     }
 
+    /// Writes the file of the configuration.
+    fn configure(&mut self, config: &str) -> io::Result<()> {
+        let octets = octets_of(self.alloc, config)?;
+        let Ok(text) = str::from_utf8(octets.as_slice()) else {
+            return Err(unread());
+        };
+        self.files.config = text.to_string(self.alloc)?;
+        Ok(())
+    }
+
     /// Makes a spool on the disks.
     fn make_spool(&mut self) -> Result<(), Fault> {
-        let settings = Settings::read(self.alloc, self.config.as_str())?;
+        let settings = Settings::read(self.alloc, self.files.config.as_str())?;
         match Node::create(self.alloc, settings.config, self.disks()?) {
             Ok(_node) => Ok(()),
             Err(NotOpened { cause, disk: _disk }) => Err(Fault::from(cause)),
@@ -246,13 +270,13 @@ impl<'a> Simulation<'a> {
 
     /// Returns a relay over the disks.
     fn started(&self) -> Result<BoxShell, Fault> {
-        let settings = Settings::read(self.alloc, self.config.as_str())?;
+        let settings = Settings::read(self.alloc, self.files.config.as_str())?;
         let ballast = BoxBallast::new(Rc::clone(&self.room)?);
         Shell::unsteered(self.alloc, settings, self.disks()?, ballast)
     }
 
     /// Answers that no relay runs.
-    fn fail(&mut self, fault: &Fault) -> io::Result<()> {
+    pub(crate) fn fail(&mut self, fault: &Fault) -> io::Result<()> {
         self.answer.push_text("fault", fault)?;
         self.answer.push_number("done", 0)
     }
@@ -267,81 +291,6 @@ impl<'a> Simulation<'a> {
         self.first.stop(self.alloc, pick)?;
         self.second.stop(self.alloc, pick)?;
         self.start()
-    }
-
-    /// Reports what connections may be ready for, lets the relay take a turn, and answers what it did.
-    fn turn(&mut self) -> io::Result<()> {
-        for wire in self.wires.iter() {
-            if let Some(report) = wire.take_event() {
-                self.around.watch.reports.push_back(report)?;
-            }
-        }
-        let ended = match self.shell.take() {
-            Some(shell) => self.turn_of(shell),
-            None => Ok(u64::MAX),
-        };
-        self.tell_connections()?;
-        if self.around.clock.take_slept() {
-            let (seconds, milliseconds) = (
-                self.around.clock.seconds.get(),
-                self.around.clock.milliseconds.get(),
-            );
-            self.answer.push_numbers("clock", seconds, milliseconds)?;
-        }
-        self.tell_log()?;
-        match ended {
-            Ok(wait) => self.answer.push_number("done", wait),
-            Err(fault) => self.fail(&fault),
-        }
-    }
-
-    /// Lets a relay take a turn, and keeps it. Returns how long it would wait, in milliseconds.
-    fn turn_of(&mut self, shell: BoxShell) -> Result<u64, Fault> {
-        let (clock, minutes) = (self.around.clock, self.minutes);
-        let mut journal = Journal::new(self.alloc, clock, &mut self.log);
-        journal.minutes = minutes;
-        let end = match shell.turns(&mut self.around, &mut journal, 1) {
-            Ok(shell) => {
-                let now = Now::of(clock);
-                Ok((journal.shortened(shell.wait(&now), &now), shell))
-            }
-            Err(fault) => Err(fault),
-        };
-        let minutes = journal.minutes;
-        self.minutes = minutes;
-        let (wait, shell) = end?;
-        self.shell = Some(shell);
-        Ok(wait)
-    }
-
-    /// Answers what the relay has done on each connection.
-    fn tell_connections(&mut self) -> io::Result<()> {
-        let dialled = mem::replace(&mut self.around.dial.dialled, Vec::new(self.alloc));
-        for Dialled { at, wire } in dialled {
-            match wire {
-                Some(wire) => {
-                    self.answer
-                        .push_named("dial", self.wires.len() as u64, &at)?;
-                    self.wires.push(wire)?;
-                }
-                None => self.answer.push_text("refused", &at)?,
-            }
-        }
-        for (number, wire) in self.wires.iter().enumerate() {
-            tell_connection(&mut self.answer, number as u64, wire)?;
-        }
-        Ok(())
-    }
-
-    /// Answers the lines of the log.
-    fn tell_log(&mut self) -> io::Result<()> {
-        for line in self.log.as_slice().split(|octet| *octet == b'\n') {
-            if !line.is_empty() {
-                self.answer.push_line("log", line)?;
-            }
-        }
-        self.log.clear();
-        Ok(())
     }
 
     /// Answers which recipients are queued.
@@ -361,31 +310,6 @@ impl<'a> Simulation<'a> {
         }
         self.answer.push_number("done", node.next_number())
     }
-}
-
-/// Answers what the relay has done on a connection.
-fn tell_connection(answer: &mut Answer, number: u64, wire: &Wire) -> io::Result<()> {
-    if wire.is_told.get() {
-        return Ok(());
-    }
-    let count = wire.take_read();
-    if count > 0 {
-        answer.push_numbers("read", number, count as u64)?;
-    }
-    if let Ok(mut output) = wire.output.try_borrow_mut() {
-        if !output.is_empty() {
-            answer.push_octets("wrote", number, output.as_slice())?;
-            output.clear();
-        }
-    }
-    if wire.is_shut.replace(false) {
-        answer.push_number("shut", number)?;
-    }
-    if wire.is_closed.get() {
-        wire.is_told.set(true);
-        answer.push_number("closed", number)?;
-    }
-    Ok(())
 }
 
 /// Returns what a word says of an address.

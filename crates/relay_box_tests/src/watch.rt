@@ -1,17 +1,15 @@
 //! What reports the readiness of the box's streams.
 use crate::disk::BoxDisk;
+use crate::files::BoxFiles;
 use crate::world::WireStream;
 use relay_connections::{Now, Readiness};
-use relay_files::Fault;
 use relay_log::Counters;
 use relay_loop::Relay;
-use relay_run::{Control, Documents, Settings, Watch};
+use relay_run::{Control, Watch};
 use relay_status::Connections;
-use std::alloc::Global;
 use std::collections::VecDeque;
-use std::io::{self, Error, ErrorKind};
 
-/// Reports what streams may be ready for, and never waits. Nobody sees the relay's state, and nobody steers it.
+/// Reports what streams may be ready for, and never waits. Nobody sees the relay's state, and it has no control socket.
 pub struct BoxWatch {
     /// Tokens, and what may be ready under each, of which the relay wasn't told yet.
     pub reports: VecDeque<(usize, Readiness)>,
@@ -25,7 +23,7 @@ impl Drop for BoxWatch {
 }
 
 impl Watch<WireStream, BoxDisk> for BoxWatch {
-    type Files = NoFiles;
+    type Files = BoxFiles;
 
     fn registry(&self) -> &() {
         &()
@@ -49,24 +47,7 @@ impl Watch<WireStream, BoxDisk> for BoxWatch {
         _now: &Now,
     ) {}
 
-    fn control(&self) -> Option<Control<'_, NoFiles>> {
+    fn control(&self) -> Option<Control<'_, BoxFiles>> {
         None
-    }
-}
-
-/// The files of a relay that nobody steers: there are none.
-pub struct NoFiles;
-
-impl Documents for NoFiles {
-    ghost has_read = { λ files path found. Unit {0} };
-
-    ghost has_replaced = { λ files path text. Unit {0} };
-
-    fn settings(&self, _alloc: Global, _path: &str) -> Result<Settings, Fault> {
-        Err(Fault::Input)
-    }
-
-    fn replace(&self, _new_path: &str, _path: &str, _text: &str) -> io::Result<()> {
-        Err(Error::from(ErrorKind::Unsupported))
     }
 }
