@@ -8,6 +8,7 @@ import contextlib
 from box_answer import require
 from box_asks import is_held
 from box_course import FAILED, LATER
+from box_custody import PATIENCE
 from box_log import attempts_of
 from relay_program import Difference
 
@@ -174,7 +175,7 @@ class Outcomes:
             self.custody.name(message, told.number)
         return message
 
-    def conclude(self, message, link, told, is_sure=False):
+    def conclude(self, message, link, told, is_sure=False, has_expired=False):
         """Records the outcome of an attempt by its lines of the log, which are surely of that link or may be."""
         verdicts, last = link.verdicts() if link else ([], LATER)
         places = self.places_of(message, [place for place, _ in verdicts], told)
@@ -186,7 +187,8 @@ class Outcomes:
                 link.check_places(message, places, True)
         if (link is None or link.began is None) and places:
             self.require_all(message, places)
-        self.require_free(message, link, places)
+        if not has_expired:
+            self.require_free(message, link, places)
         for place in places:
             require(message.places[place].due <= self.judge.highest,
                     f"{message.places[place].recipient.path!r} of {message} isn't due before "
@@ -272,9 +274,17 @@ class Outcomes:
         message = self.known(told)
         refused = told.reasons == {"connection refused"} and told.address in answer.refused
         late = told.reasons == {"unreachable"} and self.is_late(message)
-        require((refused or late) and all(EVENT_KINDS[event] == "later" for event, _ in told.lines),
+        expired = not told.reasons and self.is_over_held(message, told)
+        require((refused or late or expired) and all(EVENT_KINDS[event] == "later" for event, _ in told.lines),
                 f"the log says {told.lines} of {message} at {told.address}, where no attempt has ended")
-        self.conclude(message, None, told)
+        self.conclude(message, None, told, has_expired=expired)
+
+    def is_over_held(self, message, told):
+        """Returns whether recipients that are held have expired, as mail does that isn't: without a connection, and
+        without a reason."""
+        hops = {one.hop for one in message.places if one.hop and one.hop[0] == told.hop.encode()}
+        return (message.at + PATIENCE <= self.judge.wall and {event for event, _ in told.lines} == {"expired"}
+                and any(is_held(self.judge.asks.held, message, hop) for hop in hops))
 
     def settle_unroutable(self, message, told):
         """Records that recipients without a route were given up."""
