@@ -422,7 +422,7 @@ def run_source(program, packages, _source, folder, runs):
 
 def run_flushed(program, packages, _server, folder, runs):
     """A Postfix that was away. A next hop that can't be reached is on hold for a minute, and `flush` ends that."""
-    port, control = free_port(), pathlib.Path(folder) / "control"
+    port, control = free_port(is_kept=False), pathlib.Path(folder) / "control"
     with contextlib.closing(Field(program, packages, folder, runs, control=f'"{control}"')) as field:
         field.relay.route({"in.example": ("next.example", port), "out.example": ("sink.example", field.sink.port)})
         with field.serving():

@@ -63,7 +63,7 @@ class Server:
 
     def __init__(self, packages, to_out, to_in, spool="", port=None):
         self.room = tempfile.TemporaryDirectory()
-        self.port, self.to_out, self.to_in = port or free_port(), to_out, to_in
+        self.port, self.to_out, self.to_in = port or free_port(is_kept=False), to_out, to_in
         room = pathlib.Path(self.room.name)
         (room / "live").mkdir()
         (room / "files/root").mkdir(parents=True)

@@ -1,5 +1,6 @@
 """A relayd in a folder of its own, for tests: its configuration, its subcommands, and `serve` or `run` in the
 background; a running `relayd play`; shims for calls of the C library."""
+import collections
 import contextlib
 import os
 import pathlib
@@ -15,6 +16,9 @@ HERE = pathlib.Path(__file__).resolve().parent
 
 # How long anything may take that ought to be over at once, in seconds.
 PATIENCE = 20
+
+# The sockets that keep ports for this test: the latest ones, since a process has only so many descriptors.
+KEPT = collections.deque(maxlen=500)
 
 # What a subcommand that locks the spool ends with where another process holds the lock: its status, and its lines.
 LOCKED = (1, "relayd: device\nrelayd: another relayd holds the spool: stop it, or wait until it ends")
@@ -70,13 +74,18 @@ def preload(relay, folder, name, **environment):
     relay.environment.update(LD_PRELOAD=str(built(name, folder)), **environment)
 
 
-def free_port():
-    """Returns a port of 127.0.0.1 that nobody listens on, of those that the system doesn't assign by itself, so that
-    neither a connection nor a listener of another test takes it soon after."""
+def free_port(is_kept=True):
+    """Returns a port of 127.0.0.1 that nobody listens on, of those that the system doesn't assign by itself. Another
+    test isn't given it before this one ends, unless it isn't kept. Connections to it are refused, and whoever reuses
+    addresses, as a relay and a sink do, may listen there."""
     while True:
-        port = random.randrange(10_000, 32_768)
-        with socket.socket() as probe, contextlib.suppress(OSError):
+        port, probe = random.randrange(10_000, 32_768), socket.socket()
+        with contextlib.suppress(OSError):
             probe.bind(("127.0.0.1", port))
+            # Only after it is bound: of two probes that reuse addresses, both would be.
+            probe.setsockopt(socket.SOL_SOCKET, socket.SO_REUSEADDR, 1)
+            if is_kept:
+                KEPT.append(probe)
             return port
 
 

@@ -513,9 +513,7 @@ def faults_come_in_their_order(field):
         relay.spool.write_bytes(kept)
         relay.route({"example.org": ("next.example", field.sink.port)})
     # The spool comes before the listener.
-    with socket.socket() as taken:
-        taken.bind(("127.0.0.1", relay.port))
-        taken.listen()
+    with socket.create_server(("127.0.0.1", relay.port)):
         same("serve", relay.refused("serve"), (1, "relayd: socket"))
         relay.spool.write_bytes(b"no spool")
         same("serve", relay.refused("serve"), (1, "relayd: spool NotASpool"))
