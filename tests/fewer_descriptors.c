@@ -1,6 +1,7 @@
 // Lets the program that it is preloaded into open no descriptor from DESCRIPTORS on, once it has asked for the time of
 // day, sets its clock forward by LATER seconds, and divides its sleeps by 10. Each sleep stands in milliseconds, a line
-// each, in the file that SLEEPS names.
+// each, in the file that SLEEPS names, which is open from the beginning on: another program may change the limit at any
+// time.
 #define _GNU_SOURCE
 #include <fcntl.h>
 #include <stdio.h>
@@ -9,6 +10,28 @@
 #include <sys/syscall.h>
 #include <time.h>
 #include <unistd.h>
+
+// A descriptor that no limit of the tests leaves to the program.
+#define HIGH 60
+
+static int sleeps = -1;
+
+__attribute__((constructor)) static void open_sleeps(void)
+{
+	const char *name = getenv("SLEEPS");
+	struct rlimit limit, more;
+	if (!name || getrlimit(RLIMIT_NOFILE, &limit) != 0)
+		return;
+	more = limit;
+	more.rlim_cur = limit.rlim_max;
+	setrlimit(RLIMIT_NOFILE, &more);
+	int low = open(name, O_CREAT | O_WRONLY | O_APPEND, 0600);
+	sleeps = fcntl(low, F_DUPFD_CLOEXEC, HIGH);
+	if (sleeps < 0)
+		abort();
+	close(low);
+	setrlimit(RLIMIT_NOFILE, &limit);
+}
 
 int clock_gettime(clockid_t clock, struct timespec *moment)
 {
@@ -29,20 +52,10 @@ int clock_gettime(clockid_t clock, struct timespec *moment)
 int nanosleep(const struct timespec *asked, struct timespec *left)
 {
 	char line[40];
-	const char *name = getenv("SLEEPS");
 	long milliseconds = asked->tv_sec * 1000 + asked->tv_nsec / 1000000;
 	struct timespec shorter = { 0, milliseconds * 100000 };
-	struct rlimit limit, more;
-	if (name && getrlimit(RLIMIT_NOFILE, &limit) == 0) {
-		more = limit;
-		more.rlim_cur = limit.rlim_max;
-		setrlimit(RLIMIT_NOFILE, &more);
-		int sleeps = (int)syscall(SYS_openat, AT_FDCWD, name, O_CREAT | O_WRONLY | O_APPEND, 0600);
-		int size = snprintf(line, sizeof line, "%ld\n", milliseconds);
-		if (sleeps < 0 || syscall(SYS_write, sleeps, line, size) != size)
-			abort();
-		syscall(SYS_close, sleeps);
-		setrlimit(RLIMIT_NOFILE, &limit);
-	}
+	int size = snprintf(line, sizeof line, "%ld\n", milliseconds);
+	if (sleeps >= 0 && syscall(SYS_write, sleeps, line, size) != size)
+		abort();
 	return (int)syscall(SYS_nanosleep, &shorter, left);
 }

@@ -9,12 +9,11 @@ import resource
 import subprocess
 import sys
 import tempfile
-import time
 
 sys.dont_write_bytecode = True
 
 from mail_checks import connected, hand_in, one_message
-from relay_program import Difference, PATIENCE, Relay, preload, same
+from relay_program import Difference, PATIENCE, Relay, preload, same, until
 from smtp_sink import Sink
 
 # The standard streams, the spool's two files and the listener.
@@ -69,7 +68,7 @@ def serving_goes_on_when_there_are_some_again(field):
             leave(link)
         with connected(relay) as link:
             # The relay misses this client until it has a descriptor, and then greets it.
-            time.sleep(0.05)
+            until("a wait for a descriptor", lambda: field.sleeps.stat().st_size > 0)
             resource.prlimit(process.pid, resource.RLIMIT_NOFILE, (64, 64))
             same("the greeting", link.recv(1000)[:4], b"220 ")
             leave(link)
