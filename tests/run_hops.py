@@ -372,6 +372,7 @@ def a_hop_that_takes_no_connection_is_lost_after_half_a_minute(field):
             field.arrived(1, SOON)
             until("a line", lambda: lines_of(relay, "retry_in=60s"), 30 / 20 + 5 * SOON)
             waited = (time.monotonic() - begun) * 20
+            until("the line of the message", lambda: lines_of(relay, " to=<c@example.net> status="))
             put_off = re.compile(r".*Z relayd: deferred message=1 hop=hop\.example addr=127\.0\.0\.1:\d+ delay=\d+s "
                                  "to=<c@example.net> status=deferred reason=timeout")
             lines = lines_of(relay, " to=<c@example.net> status=")

@@ -66,7 +66,7 @@ def a_next_hop_that_is_away_is_left_alone_for_longer_each_time(field):
     with relay.running(), clients_of(relay, 1) as [client]:
         begun = time.monotonic()
         numbers = [client.hand_in("c@example.net") for _ in range(5)]
-        until("three lines", lambda: len(told(relay, "hop-held")) == 3)
+        until("three lines of each", lambda: [len(told(relay, it)) for it in ("hop-held", "deferred")] == [3, 3])
         minutes = (time.monotonic() - begun) * FASTER / 60
         later = [row[0] for row in relay.held() if row[3] > time.time() + 60]
     at = f"127.0.0.1:{away}"
@@ -325,7 +325,7 @@ def a_report_is_named_by_what_it_tells(field):
         manners.refusals = {"<r@example.org>": "550 no such user", "<l@example.org>": "450 busy"}
         clocks.advance(4 * 3600 + 60)
         until("the report of the delay", lambda: kinds() == [*wanted, "kind=delayed"])
-    same("those that failed", len(told(relay, "status=failed")), 4)
+        until("those that failed", lambda: len(told(relay, "status=failed")) == 4)
     field.sink.take_all()
 
 

@@ -265,7 +265,8 @@ def mail_whose_route_is_gone_is_reported(field):
     with relay.running():
         until("what has a route alone", lambda: [row[0] for row in relay.held()] == kept)
         reports = field.arrived(2)
-        until("a line of each", lambda: len(lines_of(relay, " relayd: no-route ")) == 3)
+        until("a line of each", lambda: [len(lines_of(relay, f" relayd: {it} ")) for it in ("no-route", "report")]
+              == [3, 2])
     ended = [int(gone.search(line)[1]) for line in lines_of(relay, " relayd: no-route ")]
     same("what has ended", sorted(ended), sorted(queued))
     told = [report_of.search(line).groups() for line in lines_of(relay, " relayd: report ")]

@@ -89,8 +89,9 @@ class Clocks:
 
 
 def lines_of(relay, text):
-    """Returns the lines of the log that contain a text, without findings in the configuration."""
-    lines = relay.log.read_text().splitlines()
+    """Returns the lines of the log that contain a text, without findings in the configuration. A thread of the relay
+    writes the log: a line without an end is one of which only a part is written."""
+    *lines, _ = relay.log.read_text().split("\n")
     return [line for line in lines if text in line and not line.startswith(f"{relay.file}:")]
 
 
