@@ -81,10 +81,9 @@ def asked(path, octets):
 
 
 def found_away(relay):
-    """Waits until the relay has found that a next hop is away. How many of its messages were tried until then depends
-    on how fast they came."""
-    until("the next hop is found away", lambda: lines_of(relay, "hop-held") != [])
-    time.sleep(0.5)
+    """Waits until the relay has found that a next hop is away, and has put off the message that it tried. One message
+    is tried at a time before a next hop has answered, and none while it is on hold."""
+    until("the next hop is found away", lambda: lines_of(relay, "hop-held") and lines_of(relay, "status=deferred"))
 
 
 def not_all(relay, *words):
@@ -117,8 +116,8 @@ def expired_report(field, within):
     same("its action", b"\r\nAction: failed\r\n" in report.content, True)
 
 
-def takes_mail(arrived, pause=0.0):
-    """Returns a function for a next hop that takes mail, waits this long before it replies to a content, and adds each
+def takes_mail(arrived, wait=lambda: None):
+    """Returns a function for a next hop that takes mail, calls `wait` before it replies to a content, and adds each
     content to a list."""
 
     def serve(link):
@@ -130,7 +129,7 @@ def takes_mail(arrived, pause=0.0):
                     content = b""
                     while (text := lines.readline()) not in (b".\r\n", b""):
                         content += text
-                    time.sleep(pause)
+                    wait()
                     arrived.append(content)
                 link.sendall(b"250 ok\r\n")
                 if line == b"QUIT\r\n":
@@ -139,11 +138,23 @@ def takes_mail(arrived, pause=0.0):
     return serve
 
 
-def reloads(path):
-    """Asks for a reload in a thread of its own. Returns the thread, and the list that gets the answer."""
-    answers = []
-    thread = threading.Thread(target=lambda: answers.append(asked(path, b"reload\n")))
+def a_second():
+    time.sleep(1)
+
+
+def asks(relay, path, request):
+    """Asks for something in a thread of its own, and waits for the line of the log that says so: the relay has begun
+    with it then. Returns the thread, and the list that gets the answer."""
+    before, answers = lines_of(relay, " relayd: control "), []
+    thread = threading.Thread(target=lambda: answers.append(asked(path, request)))
     thread.start()
+    until(f"the line of {request}", lambda: len(lines_of(relay, " relayd: control ")) > len(before))
+    return thread, answers
+
+
+def reloads(relay, path):
+    """Asks for a reload, which isn't over at once. Returns what `asks` does."""
+    thread, answers = asks(relay, path, b"reload\n")
     time.sleep(0.5)
     same("answers before its end", answers, [])
     return thread, answers
@@ -266,7 +277,7 @@ def a_drain_cuts_no_attempt(field):
     """16 attempts run when the relay is drained; nothing is delivered twice."""
     port, arrived = free_port(), []
     relay, _ = with_control(field, more={"example.net": ("slow.example", port)}, attempts_per_hop=16)
-    with hop_that(takes_mail(arrived, 1.0), port):
+    with hop_that(takes_mail(arrived, a_second), port):
         process = relay.begin()
         with clients_of(relay, 1) as [client]:
             for number in range(40):
@@ -282,18 +293,22 @@ def a_drain_cuts_no_attempt(field):
 
 
 def a_draining_relay_takes_no_client(field):
-    port, arrived = free_port(), []
+    port, arrived, has_text, may_reply = free_port(), [], threading.Event(), threading.Event()
+
+    def wait():
+        has_text.set()
+        may_reply.wait(PATIENCE)
+
     relay, path = with_control(field, more={"example.net": ("slow.example", port)})
-    with hop_that(takes_mail(arrived, 3.0), port):
+    with hop_that(takes_mail(arrived, wait), port):
         process = relay.begin()
         with clients_of(relay, 1) as [client]:
             client.hand_in("c@example.net")
-            drain = threading.Thread(target=asked, args=(path, b"drain 30\n"))
-            time.sleep(0.5)
-            drain.start()
-            time.sleep(0.5)
+            same("whether the next hop has the text", has_text.wait(PATIENCE), True)
+            drain, _ = asks(relay, path, b"drain 30\n")
             with Client(relay) as other:
                 same("the greeting", other.reply(), "421 relay.example service stopping, closing")
+            may_reply.set()
         same("its status", process.wait(PATIENCE), 0)
         drain.join()
         process.stdout.close()
@@ -311,7 +326,7 @@ def a_reload_adds_a_route_and_takes_one(field):
             idle.begin()
             client.ask_for_text("c@example.net")
             relay.route({"example.org": ("next.example", field.sink.port), "example.com": ("new.example", port)})
-            reload, answers = reloads(path)
+            reload, answers = reloads(relay, path)
             same("an idle client", idle.reply(), STOPPING)
             with Client(relay) as late:
                 same("the reply to the mail", client.say(TEXT)[:4], "250 ")
@@ -374,7 +389,7 @@ def a_reload_cuts_no_attempt(field):
     """16 attempts run when the configuration is read again; nothing is delivered twice."""
     port, arrived = free_port(), []
     relay, path = with_control(field, more={"example.net": ("slow.example", port)}, attempts_per_hop=16)
-    with hop_that(takes_mail(arrived, 1.0), port), relay.running():
+    with hop_that(takes_mail(arrived, a_second), port), relay.running():
         with clients_of(relay, 1) as [client]:
             for number in range(40):
                 client.hand_in("c@example.net", b"Subject: %d\r\n\r\ntext\r\n.\r\n" % number)
@@ -390,7 +405,7 @@ def one_reload_at_a_time(field):
     with relay.running(), Client(relay) as client:
         client.begin()
         client.ask_for_text()
-        reload, answers = reloads(path)
+        reload, answers = reloads(relay, path)
         same("another one", asked(path, b"reload\n"), b"error another reload waits\n")
         same("the reply to the mail", client.say(TEXT)[:4], "250 ")
         reload.join(PATIENCE)
@@ -540,7 +555,7 @@ def a_kill_ends_no_other_mail_than_was_named(field):
         same("mail that is still to be discarded", named, [])
         same("the queue", {row[0] for row in relay.held()}, kept)
         same("release", relay.run("release", "--hop", "next.example"), ["released"])
-        field.arrived(len(kept), PATIENCE)
+        field.arrived(len(kept), 3 * PATIENCE)
         until("the queue is empty", lambda: relay.held() == [])
 
 
