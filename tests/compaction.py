@@ -267,7 +267,7 @@ def list_beside_a_run_that_compacts(field):
             thread.start()
         try:
             begun = time.monotonic()
-            while not is_enough() and time.monotonic() < begun + PATIENCE:
+            while not is_enough() and time.monotonic() < begun + 3 * PATIENCE:
                 client.ask_for_text()
                 reply = client.say(b"x" * 3000 + b"\r\n.\r\n")
                 if reply != "452 spool full":

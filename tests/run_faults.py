@@ -463,8 +463,10 @@ def what_was_put_off_is_tried_at_its_moment(field):
         # Three seconds before its moment. Another client's mail lets the relay look at the clock.
         shift.write_text(str(int(due - time.time()) - 3))
         hand_in(relay, recipients=("c@example.org",))
-        field.arrived(1, SOON)
-        field.arrived(1, 3 + 2 * SOON)
+        if not field.sink.wait_for(1, SOON):
+            raise Slow("the other client's mail isn't relayed")
+        # Both have come by then, in whatever order on a busy machine.
+        field.arrived(2, 3 + 2 * SOON)
         same("early", time.time() + float(shift.read_text()) >= due, True)
         until("an empty list", lambda: relay.held() == [])
         comes_to_rest(process, "after what was put off")

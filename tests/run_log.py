@@ -526,7 +526,7 @@ def a_log_that_nobody_reads_stops_no_mail(field):
         flood(client, messages)
         field.sink.wait_for(messages + 10, 60)
         no_later(client, alone, 10, "a log that nobody reads")
-        until("an empty list", lambda: relay.held() == [])
+        until("an empty list", lambda: relay.held() == [], 3 * PATIENCE)
         read = []
         reader = threading.Thread(target=lambda: [read.append(line.decode().rstrip("\n")) for line in lines])
         reader.start()
@@ -552,7 +552,7 @@ def dropped_lines_of_json_have_a_line_of_json(field):
     with unread_log(relay) as (process, lines), clients_of(relay, 1) as [client]:
         flood(client, messages)
         field.sink.wait_for(messages, 60)
-        until("an empty list", lambda: relay.held() == [])
+        until("an empty list", lambda: relay.held() == [], 3 * PATIENCE)
         read = []
         reader = threading.Thread(target=lambda: [read.append(json.loads(line)) for line in lines])
         reader.start()

@@ -197,7 +197,7 @@ def silent_connections_of_the_balancer_hold_up_nobody(field):
             client.hand_in()
         same("the client in the trace header", client_in_trace(field), "127.0.0.1")
         # After five seconds there is room for headers again.
-        time.sleep(LONGEST + 1)
+        until("room for headers", lambda: reasons(relay).count("proxy-header-timeout") == 64, LONGEST + 1 * TIMES)
         handed_in(field, relay, "192.0.2.77", tcp4("192.0.2.77"))
         same("lines of clients that were turned away", lines_of(relay, "too-many"), [])
 
