@@ -350,12 +350,20 @@ def a_kill_in_compact_loses_nothing(field):
 
 
 def a_kill_in_serve_loses_nothing(field):
-    """`serve`, with a spool limit so small that it compacts after every few messages."""
+    """`serve`, with a spool limit so small that it compacts after every few messages. It is killed more often, and
+    lives longer each time, where it is too slow for enough of both."""
     field.relay = field.new_relay("killed", spool_limit=20000)
-    chance, answered, number = random.Random(11), {}, 0
-    for kill in range(KILLS):
+    chance, answered, number, kill, ends = random.Random(11), {}, 0, 0, time.monotonic() + 6 * PATIENCE
+
+    def generation():
+        return max(head[1] for head in map(head_of, field.files()) if head)
+
+    def is_enough():
+        return generation() >= 12 and len(answered) >= 30
+
+    while kill < KILLS or not is_enough() and time.monotonic() < ends:
         process = field.relay.start("--rounds", "1000000")
-        timer = threading.Timer(chance.uniform(0.05, 0.4), process.kill)
+        timer = threading.Timer(chance.uniform(0.05, 0.4) * max(1, kill / KILLS), process.kill)
         timer.start()
         number = feed(field.relay, answered, number)
         timer.join()
@@ -364,9 +372,9 @@ def a_kill_in_serve_loses_nothing(field):
         held = {row[0] for row in field.relay.held()}
         lost = [it for it, queued in answered.items() if it not in gone and queued not in held]
         same(f"messages lost after kill {kill}", lost, [])
-    generation = max(head[1] for head in map(head_of, field.files()) if head)
-    if generation < 12 or len(answered) < 30:
-        raise Difference(f"only {generation - 1} compactions, and {len(answered)} messages")
+        kill += 1
+    if not is_enough():
+        raise Difference(f"only {generation() - 1} compactions, and {len(answered)} messages")
 
 
 def feed(relay, answered, number):
