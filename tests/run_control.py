@@ -231,12 +231,14 @@ def held_mail_expires_while_it_is_held(field):
         same("the queue before its time", [row[2] for row in relay.held()], ["<c@example.net>"])
         expired_report(field, EARLY)
         until("an empty queue", lambda: relay.held() == [])
+        until("the line of that", lambda: len(lines_of(relay, " relayd: expired ")) == 1)
         with clients_of(relay, 1) as [client]:
             client.hand_in("d@example.net")
     clocks.advance(5 * DAY)
     with relay.running():
         expired_report(field, SOON)
         until("an empty queue again", lambda: relay.held() == [])
+        until("the line of that, too", lambda: len(lines_of(relay, " relayd: expired ")) == 2)
     events = {line.partition("Z relayd: ")[2].split()[0] for line in lines_of(relay, " hop=away.example")}
     same("events of the next hop", events, {"expired"})
 
