@@ -24,7 +24,7 @@ from relay_program import PATIENCE, free_port, same, until
 from running_relay import SOON, TEXT, TIMES, Client, Clocks, clients_of, hop_that, hop_that_hangs, lines_of, play_rows
 
 # Five of these after its acceptance mail expires; and how long before that a test looks, in seconds.
-DAY, EARLY = 86400, 6
+DAY, EARLY = 86400, 15
 
 # Octets that a caller sends, and their answers.
 REFUSED = [
